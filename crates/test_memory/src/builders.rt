@@ -2,7 +2,7 @@
 
 use crate::claims::numbered;
 use crate::kinds::{Cases, Signed, ask_kinds, footer, symmetric_key};
-use crate::run::{Run, Snapshot, calls, edits, filled, shown, with};
+use crate::run::{Run, Snapshot, calls, edits, shown};
 use anyhow::{Result, bail};
 use rusty_paseto::prelude::*;
 use serde_json::{Map, Value};
@@ -46,24 +46,15 @@ pub fn builder_of<V: VersionTrait, P: PurposeTrait>(
     alloc: Global,
     text: &str,
 ) -> Result<GenericBuilder<'static, V, P>> {
-    let builder = GenericBuilder::new(alloc);
-    let mut builder = filled(builder, |builder| put_claims(builder, alloc, text))?;
-    builder.set_footer(footer());
-    Ok(builder)
-}
-
-fn put_claims<V: VersionTrait, P: PurposeTrait>(
-    builder: &mut GenericBuilder<'static, V, P>,
-    alloc: Global,
-    text: &str,
-) -> Result<()> {
+    let mut builder = GenericBuilder::new(alloc);
     builder.put_claim(&AudienceClaim::from("customers"))?;
     builder.put_claim(&CustomClaim::try_from_str(alloc, "data", text)?)?;
     builder.put_claim(&CustomClaim::try_from_str(alloc, "seats", 4u64)?)?;
     'numbers: for number in 0..12u64 {
         builder.put_claim(&numbered(alloc, number)?)?;
     }
-    Ok(())
+    builder.set_footer(footer());
+    Ok(builder)
 }
 
 const SEVERAL: &str = "{\"a\":[1,2],\"aud\":null,\"z\":{\"b\":\"c\"}}";
@@ -85,43 +76,29 @@ fn ask_claims(run: &mut Run<'_>) -> Result<()> {
 
 fn ask_payload(run: &mut Run<'_>) -> Result<()> {
     let builder = builder_of::<V4, Local>(run.alloc, run.text)?;
-    with(builder, |builder| {
-        calls! { run; "GenericBuilder::build_payload_from_claims of some claims"
-            => builder.build_payload_from_claims(); }
-    })
+    calls! { run; "GenericBuilder::build_payload_from_claims of some claims"
+        => builder.build_payload_from_claims(); }
 }
 
 struct Kinds;
 
 impl Cases for Kinds {
     fn ask_local<V: DefaultLocalVersion>(run: &mut Run<'_>, kind: &str) -> Result<()> {
-        let (builder, key) = (
-            builder_of::<V, Local>(run.alloc, run.text)?,
-            symmetric_key(),
-        );
-        with(builder, |builder| {
-            calls! { run, kind; "GenericBuilder::try_encrypt of {}" => builder.try_encrypt(&mut Zeros, &key); }
-        })
+        let builder = builder_of::<V, Local>(run.alloc, run.text)?;
+        let key = symmetric_key();
+        calls! { run, kind; "GenericBuilder::try_encrypt of {}" => builder.try_encrypt(&mut Zeros, &key); }
     }
 
     fn ask_boxed(run: &mut Run<'_>) -> Result<()> {
-        let (builder, key) = (
-            builder_of::<V2, Local>(run.alloc, run.text)?,
-            symmetric_key(),
-        );
-        with(builder, |builder| {
-            calls! { run; "GenericBuilder::try_encrypt of v2.local"
-                => builder.try_encrypt(&PlainBox, &mut Zeros, &key); }
-        })
+        let key = symmetric_key();
+        let builder = builder_of::<V2, Local>(run.alloc, run.text)?;
+        calls! { run; "GenericBuilder::try_encrypt of v2.local"
+            => builder.try_encrypt(&PlainBox, &mut Zeros, &key); }
     }
 
     fn ask_public<V: Signed>(run: &mut Run<'_>, kind: &str, keys: &Keys) -> Result<()> {
-        let (builder, key) = (
-            builder_of::<V, Public>(run.alloc, run.text)?,
-            V::private_key(keys),
-        );
-        with(builder, |builder| {
-            calls! { run, kind; "GenericBuilder::try_sign of {}" => builder.try_sign(&mut Lenient, &key); }
-        })
+        let builder = builder_of::<V, Public>(run.alloc, run.text)?;
+        let key = V::private_key(keys);
+        calls! { run, kind; "GenericBuilder::try_sign of {}" => builder.try_sign(&mut Lenient, &key); }
     }
 }

@@ -4,7 +4,7 @@ use crate::builders::map_of;
 use crate::claims::numbered;
 use crate::kinds::{Cases, Signed, ask_kinds, footer, symmetric_key};
 use crate::parsers::{SEVERAL, good, now, put_checks};
-use crate::run::{Run, Snapshot, calls, edits, filled, put, shown, with};
+use crate::run::{Run, Snapshot, calls, edits, put, shown};
 use crate::tokens::{seal, seal_boxed, sign};
 use crate::validators::{Refuses, validators};
 use anyhow::{Result, ensure};
@@ -51,32 +51,22 @@ pub fn builder_of<V: VersionTrait, P: PurposeTrait>(
 ) -> Result<PasetoBuilder<'static, V, P>> {
     let now = now()?;
     ensure!(fits_default(now), "no default builder begins at the moment");
-    let builder = PasetoBuilder::default(alloc, now)?;
-    let mut builder = filled(builder, |builder| put_claims(builder, alloc, text, more))?;
-    builder.set_footer(footer());
-    Ok(builder)
-}
-
-fn put_claims<V: VersionTrait, P: PurposeTrait>(
-    builder: &mut PasetoBuilder<'static, V, P>,
-    alloc: Global,
-    text: &str,
-    more: u64,
-) -> Result<()> {
+    let mut builder = PasetoBuilder::default(alloc, now)?;
     builder.put_claim(&AudienceClaim::from("customers"))?;
     builder.put_claim(&CustomClaim::try_from_str(alloc, "data", text)?)?;
     'numbers: for number in 0..more {
         builder.put_claim(&numbered(alloc, number)?)?;
     }
-    Ok(())
+    builder.set_footer(footer());
+    Ok(builder)
 }
 
 /// A parser that checks fifteen claims, and expects the footer.
 pub fn parser_of<V: VersionTrait, P: PurposeTrait>(
     alloc: Global,
 ) -> Result<PasetoParser<'static, V, P>> {
-    let parser = PasetoParser::default(alloc, now()?)?;
-    let mut parser = filled(parser, |parser| put_checks(parser, alloc, 12))?;
+    let mut parser = PasetoParser::default(alloc, now()?)?;
+    put_checks(&mut parser, alloc, 12)?;
     parser.set_footer(footer());
     Ok(parser)
 }
@@ -112,10 +102,8 @@ fn ask_claims(run: &mut Run<'_>) -> Result<()> {
 
 fn ask_payload(run: &mut Run<'_>) -> Result<()> {
     let builder = builder_of::<V4, Local>(run.alloc, run.text, 10)?;
-    with(builder, |builder| {
-        calls! { run; "PasetoBuilder::build_payload_from_claims of some claims"
-            => builder.build_payload_from_claims(); }
-    })
+    calls! { run; "PasetoBuilder::build_payload_from_claims of some claims"
+        => builder.build_payload_from_claims(); }
 }
 
 // A claim that is set again makes a key the repeated one, for which nothing is built.
@@ -124,16 +112,12 @@ fn ask_repeated_claims(run: &mut Run<'_>) -> Result<()> {
     edits!(run, "PasetoBuilder::", builder = builder_of::<V4, Local>(alloc, "a", 10);
         "put_claim of a key that was set" => builder.put_claim(&claim);
     )?;
-    let builder = builder_of(alloc, "a", 10)?;
-    let builder = filled(builder, |builder: &mut PasetoBuilder<'_, V4, Local>| {
-        Ok(builder.put_claim(&claim)?)
-    })?;
-    with(builder, |builder| {
-        calls!(run; "PasetoBuilder::build of a key that was set again, refused"
-            => builder.build(&mut Zeros, &key);)?;
-        calls! { run; "PasetoBuilder::build_payload_from_claims of a key that was set again, refused"
-            => builder.build_payload_from_claims(); }
-    })?;
+    let mut builder = builder_of::<V4, Local>(alloc, "a", 10)?;
+    builder.put_claim(&claim)?;
+    calls!(run; "PasetoBuilder::build of a key that was set again, refused"
+        => builder.build(&mut Zeros, &key);)?;
+    calls!(run; "PasetoBuilder::build_payload_from_claims of a key that was set again, refused"
+        => builder.build_payload_from_claims();)?;
     edits! { run, "PasetoBuilder::", builder = builder_of::<V4, Local>(alloc, "a", 10);
         "put_no_expiration_danger_acknowledged of a builder"
             => builder.put_no_expiration_danger_acknowledged();
@@ -194,46 +178,35 @@ impl Cases for Kinds {
     fn ask_local<V: DefaultLocalVersion>(run: &mut Run<'_>, kind: &str) -> Result<()> {
         let (alloc, key) = (run.alloc, symmetric_key());
         let token = seal::<V>(alloc, good(alloc, run.text)?.as_str(), footer())?;
-        with(builder_of::<V, Local>(alloc, run.text, 10)?, |builder| {
-            calls! { run, kind; "PasetoBuilder::build of {}" => builder.build(&mut Zeros, &key); }
-        })?;
-        with(parser_of::<V, Local>(alloc)?, |parser| {
-            calls! { run, kind; "DefaultParser::parse of {}" => parser.parse(token.as_str(), &key); }
-        })
+        let builder = builder_of::<V, Local>(alloc, run.text, 10)?;
+        let parser = parser_of::<V, Local>(alloc)?;
+        calls! { run, kind;
+            "PasetoBuilder::build of {}" => builder.build(&mut Zeros, &key);
+            "DefaultParser::parse of {}" => parser.parse(token.as_str(), &key);
+        }
     }
 
     fn ask_boxed(run: &mut Run<'_>) -> Result<()> {
         let (alloc, key) = (run.alloc, symmetric_key());
         let token = seal_boxed(alloc, good(alloc, run.text)?.as_str(), footer())?;
-        with(
-            parser_of::<V2, Local>(alloc)?,
-            |parser| ask_undated(run, parser),
-        )?;
-        with(builder_of::<V2, Local>(alloc, run.text, 10)?, |builder| {
-            calls! { run; "PasetoBuilder::build of v2.local" => builder.build(&PlainBox, &mut Zeros, &key); }
-        })?;
-        with(parser_of::<V2, Local>(alloc)?, |parser| {
-            calls! { run; "DefaultParser::parse of v2.local"
-                => parser.parse(&PlainBox, token.as_str(), &key); }
-        })
+        let builder = builder_of::<V2, Local>(alloc, run.text, 10)?;
+        let parser = parser_of::<V2, Local>(alloc)?;
+        let undated = Value::from_str(alloc, "{\"exp\":\"x\"}")?;
+        calls! { run;
+            "DefaultParser::check of no date, refused" => parser.check(&undated);
+            "PasetoBuilder::build of v2.local" => builder.build(&PlainBox, &mut Zeros, &key);
+            "DefaultParser::parse of v2.local" => parser.parse(&PlainBox, token.as_str(), &key);
+        }
     }
 
     fn ask_public<V: Signed>(run: &mut Run<'_>, kind: &str, keys: &Keys) -> Result<()> {
         let (alloc, private, public) = (run.alloc, V::private_key(keys), V::public_key(keys)?);
         let token = sign::<V>(alloc, good(alloc, run.text)?.as_str(), footer())?;
-        with(builder_of::<V, Public>(alloc, run.text, 10)?, |builder| {
-            calls! { run, kind; "PasetoBuilder::build of {}" => builder.build(&mut Lenient, &private); }
-        })?;
-        with(parser_of::<V, Public>(alloc)?, |parser| {
-            calls! { run, kind; "DefaultParser::parse of {}"
-                => parser.parse(&Lenient, token.as_str(), &public); }
-        })
+        let builder = builder_of::<V, Public>(alloc, run.text, 10)?;
+        let parser = parser_of::<V, Public>(alloc)?;
+        calls! { run, kind;
+            "PasetoBuilder::build of {}" => builder.build(&mut Lenient, &private);
+            "DefaultParser::parse of {}" => parser.parse(&Lenient, token.as_str(), &public);
+        }
     }
-}
-
-fn ask_undated(run: &mut Run<'_>, parser: &PasetoParser<'static, V2, Local>) -> Result<()> {
-    let undated = Value::from_str(run.alloc, "{\"exp\":\"x\"}")?;
-    with(undated, |undated| {
-        calls! { run; "DefaultParser::check of no date, refused" => parser.check(undated); }
-    })
 }

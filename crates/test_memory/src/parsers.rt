@@ -3,7 +3,7 @@
 use crate::builders::{ODD, map_of, odd_claim};
 use crate::claims::numbered;
 use crate::kinds::{Cases, Signed, ask_kinds, footer, symmetric_key};
-use crate::run::{Run, Snapshot, calls, edits, filled, shown, with};
+use crate::run::{Run, Snapshot, calls, edits, shown};
 use crate::tokens::{seal, seal_boxed, sign};
 use crate::validators::{Refuses, validators};
 use anyhow::Result;
@@ -57,8 +57,8 @@ pub type Parser<V, P> = GenericParser<'static, V, P>;
 
 /// A parser that checks fifteen claims, and expects the footer.
 pub fn parser_of<V: VersionTrait, P: PurposeTrait>(alloc: Global) -> Result<Parser<V, P>> {
-    let parser = GenericParser::new(alloc);
-    let mut parser = filled(parser, |parser| put_checks(parser, alloc, 14))?;
+    let mut parser = GenericParser::new(alloc);
+    put_checks(&mut parser, alloc, 14)?;
     parser.set_footer(footer());
     Ok(parser)
 }
@@ -74,11 +74,9 @@ pub fn put_checks<B, P: CheckSetter<B>>(parser: &mut P, alloc: Global, more: u64
 
 // A parser that checks the times too.
 fn timed<V: VersionTrait, P: PurposeTrait>(alloc: Global) -> Result<Parser<V, P>> {
-    let now = now()?;
-    filled(
-        parser_of(alloc)?,
-        |parser: &mut Parser<V, P>| Ok(parser.put_times(now)?),
-    )
+    let mut parser = parser_of(alloc)?;
+    parser.put_times(now()?)?;
+    Ok(parser)
 }
 
 fn ask_checks(run: &mut Run<'_>) -> Result<()> {
@@ -137,17 +135,12 @@ fn ask_maps(run: &mut Run<'_>) -> Result<()> {
 }
 
 fn ask_value(run: &mut Run<'_>) -> Result<()> {
-    let payload = good(run.alloc, run.text)?;
-    let parser = timed::<V4, Local>(run.alloc)?;
-    with(parser, |parser| {
-        let undated = Value::from_str(run.alloc, "{\"exp\":\"x\"}")?;
-        with(undated, |undated| {
-            calls! { run;
-                "TokenParser::value_of of a text" => parser.value_of(payload.as_str());
-                "TokenParser::check of no date, refused" => parser.check(undated);
-            }
-        })
-    })
+    let (payload, parser) = (good(run.alloc, run.text)?, timed::<V4, Local>(run.alloc)?);
+    let undated = Value::from_str(run.alloc, "{\"exp\":\"x\"}")?;
+    calls! { run;
+        "TokenParser::value_of of a text" => parser.value_of(payload.as_str());
+        "TokenParser::check of no date, refused" => parser.check(&undated);
+    }
 }
 
 struct Kinds;
@@ -155,25 +148,20 @@ struct Kinds;
 impl Cases for Kinds {
     fn ask_local<V: DefaultLocalVersion>(run: &mut Run<'_>, kind: &str) -> Result<()> {
         let token = seal::<V>(run.alloc, good(run.alloc, run.text)?.as_str(), footer())?;
-        with(timed::<V, Local>(run.alloc)?, |parser| {
-            calls! { run, kind; "TokenParser::parse of {}" => parser.parse(token.as_str(), &symmetric_key()); }
-        })
+        let parser = timed::<V, Local>(run.alloc)?;
+        calls! { run, kind; "TokenParser::parse of {}" => parser.parse(token.as_str(), &symmetric_key()); }
     }
 
     fn ask_boxed(run: &mut Run<'_>) -> Result<()> {
         let token = seal_boxed(run.alloc, good(run.alloc, run.text)?.as_str(), footer())?;
-        let key = symmetric_key();
-        with(timed::<V2, Local>(run.alloc)?, |parser| {
-            calls! { run; "TokenParser::parse of v2.local" => parser.parse(&PlainBox, token.as_str(), &key); }
-        })
+        let (parser, key) = (timed::<V2, Local>(run.alloc)?, symmetric_key());
+        calls! { run; "TokenParser::parse of v2.local" => parser.parse(&PlainBox, token.as_str(), &key); }
     }
 
     fn ask_public<V: Signed>(run: &mut Run<'_>, kind: &str, keys: &Keys) -> Result<()> {
         let token = sign::<V>(run.alloc, good(run.alloc, run.text)?.as_str(), footer())?;
-        let key = V::public_key(keys)?;
-        with(timed::<V, Public>(run.alloc)?, |parser| {
-            calls! { run, kind; "TokenParser::parse of {}" => parser.parse(&Lenient, token.as_str(), &key); }
-        })
+        let (key, parser) = (V::public_key(keys)?, timed::<V, Public>(run.alloc)?);
+        calls! { run, kind; "TokenParser::parse of {}" => parser.parse(&Lenient, token.as_str(), &key); }
     }
 }
 
@@ -193,27 +181,15 @@ const REFUSED: &[(&str, &str)] = &[
 fn ask_failed_checks(run: &mut Run<'_>) -> Result<()> {
     let (alloc, payload) = (run.alloc, expired(run.alloc)?);
     let payload = payload.as_str();
-    let parser = filled(timed(alloc)?, |parser: &mut Parser<V4, Local>| {
-        Ok(parser.put_check(&AudienceClaim::from("customers"))?)
-    })?;
-    with(parser, |parser| {
-        ask_payloads(run, parser)?;
-        ask_refused(run, "an expired token, refused", payload, parser)
-    })?;
-    let parser = filled(parser_of(alloc)?, |parser: &mut Parser<V4, Local>| {
-        Ok(parser.put_validators(validators!(alloc))?)
-    })?;
-    with(
-        parser,
-        |parser| ask_refused(run, "what a validator refuses, refused", payload, parser),
-    )
-}
-
-fn ask_payloads(run: &mut Run<'_>, parser: &Parser<V4, Local>) -> Result<()> {
+    let mut parser = timed::<V4, Local>(alloc)?;
+    parser.put_check(&AudienceClaim::from("customers"))?;
     'payloads: for &(of, payload) in REFUSED {
-        ask_refused(run, of, payload, parser)?;
+        ask_refused(run, of, payload, &parser)?;
     }
-    Ok(())
+    ask_refused(run, "an expired token, refused", payload, &parser)?;
+    let mut parser = parser_of(alloc)?;
+    parser.put_validators(validators!(alloc))?;
+    ask_refused(run, "what a validator refuses, refused", payload, &parser)
 }
 
 fn ask_refused(run: &mut Run<'_>, of: &str, json: &str, parser: &Parser<V4, Local>) -> Result<()> {

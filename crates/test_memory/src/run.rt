@@ -79,8 +79,8 @@ pub fn put<T: Drop, E>(slot: &mut Option<T>, made: Result<T, E>) -> Result<(), E
     Ok(())
 }
 
-/// Asks about an object, and drops it by a call: where a scope ends with a key of any version, a builder, a parser or a
-/// value, each of its exits takes long to prove.
+/// Asks about an object, and drops it by a call: where a scope ends with a key of any version, each of its exits takes
+/// long to prove.
 pub fn with<O: Drop, F>(object: O, ask: F) -> Result<()>
 where
     F: FnOnce(&O) -> Result<()>,
@@ -89,22 +89,6 @@ where
     let asked = ask(&object);
     drop(object);
     asked
-}
-
-/// An object that is filled. It is dropped by a call where that fails.
-pub fn filled<O: Drop, F>(object: O, fill: F) -> Result<O>
-where
-    F: FnOnce(&mut O) -> Result<()>,
-    requires { F.IsAlwaysCallable fill }
-{
-    let mut object = object;
-    match fill(&mut object) {
-        Ok(()) => Ok(object),
-        Err(error) => {
-            drop(object);
-            Err(error)
-        }
-    }
 }
 
 /// A time that one line of a table is asked.
